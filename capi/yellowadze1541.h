@@ -128,6 +128,26 @@ int32_t y1541_insert(y1541 *d, const uint8_t *image, size_t len, uint8_t is_prot
 /* The number of the status, 0 to 74; this doesn't read channel 15. 20 or more is an error, except 73 (power up). NO_DRIVE. */
 int32_t y1541_status(y1541 *d);
 
+/* --- the drive's DOS without its wires: for traps in place of LOAD and SAVE, and for computers with another bus */
+
+/* The next four calls do at once what the same bytes on the wires would do, with the same answers. The wires must be at rest: all others have freed all lines, the
+ * drive isn't addressed, and nothing is due. They are at rest afterwards, no time passes, and a session on them goes on. Channels are the secondary addresses 0 to 15.
+ * INVALID: the channel is above 15, or the wires aren't at rest; nothing has changed then. NO_DRIVE.
+ * An error of the DOS isn't a result: y1541_status has its number. Reading channel 15 gives its line, after which the status is 0. */
+
+/* OPEN with a text such as NAME,P,R; on channel 15 the text is a command. The DOS takes the first 256 bytes of it. */
+int32_t y1541_channel_open(y1541 *d, uint8_t channel, const uint8_t *text, size_t n);
+
+/* Bytes to a channel, as LISTEN, the bytes with EOI at the last one, UNLISTEN. On channel 15 they are a command. */
+int32_t y1541_channel_write(y1541 *d, uint8_t channel, const uint8_t *bytes, size_t n);
+
+/* Bytes from a channel, at most `room`, as TALK, the bytes, UNTALK. `got` gets their number: 0 if the channel has none to send. `last` gets 1 if the last one came with
+ * EOI, otherwise 0; the next call then goes on with the next byte. If the call fails, both are unchanged. */
+int32_t y1541_channel_read(y1541 *d, uint8_t channel, uint8_t *out, size_t room, size_t *got, uint8_t *last);
+
+/* CLOSE; that of channel 15 closes all channels. */
+int32_t y1541_channel_close(y1541 *d, uint8_t channel);
+
 /* --- the whole state of a drive, its disk included, as bytes that a later run of the program can restore */
 
 /* [m] The state of the drive as it is now: its lines and pending reaction, who is addressed, its channels, its status, its disk with the count of its

@@ -208,6 +208,45 @@ int32_t y1541_status(y1541 *d) {
     return m ? signed32(IN(y1541_status)(&m->in, m->handle)) : Y1541_NO_DRIVE;
 }
 
+/* --- the drive's DOS without its wires */
+
+static u32 tells(machine *m, int is_open, u64 channel, u64 bytes, u64 n) {
+    return is_open ? IN(y1541_channel_open)(&m->in, m->handle, (u32)channel, bytes, n) : IN(y1541_channel_write)(&m->in, m->handle, (u32)channel, bytes, n);
+}
+
+static int32_t sent(y1541 *d, int is_open, uint8_t channel, const uint8_t *bytes, size_t n) {
+    machine *m = d->at;
+    if (!m) return Y1541_NO_DRIVE;
+    u64 copy = given(m, bytes, n);
+    if (!copy) return Y1541_NO_MEMORY;
+    int32_t said = signed32(tells(m, is_open, channel, copy, n));
+    IN(room_back)(&m->in, copy);
+    return said;
+}
+
+int32_t y1541_channel_open(y1541 *d, uint8_t channel, const uint8_t *text, size_t n) { return sent(d, 1, channel, text, n); }
+
+int32_t y1541_channel_write(y1541 *d, uint8_t channel, const uint8_t *bytes, size_t n) { return sent(d, 0, channel, bytes, n); }
+
+int32_t y1541_channel_read(y1541 *d, uint8_t channel, uint8_t *out, size_t room, size_t *got, uint8_t *last) {
+    machine *m = d->at;
+    if (!m) return Y1541_NO_DRIVE;
+    u64 place = room_in(m, room);
+    if (!place) return Y1541_NO_MEMORY;
+    int32_t said = signed32(IN(y1541_channel_read)(&m->in, m->handle, channel, place, room, m->small, m->small + 8));
+    if (said == Y1541_OK) {
+        *got = (size_t)number(m, m->small), *last = at(m, m->small)[8];
+        if (*got) memcpy(out, at(m, place), *got);
+    }
+    IN(room_back)(&m->in, place);
+    return said;
+}
+
+int32_t y1541_channel_close(y1541 *d, uint8_t channel) {
+    machine *m = d->at;
+    return m ? signed32(IN(y1541_channel_close)(&m->in, m->handle, channel)) : Y1541_NO_DRIVE;
+}
+
 /* --- images: each call begins with a module and a copy of the image, and ends with machine_gone */
 
 #define WITH_IMAGE \

@@ -124,6 +124,12 @@ export interface Said {
   line: string;
 }
 
+/** Bytes of a channel, and whether the last of them came with EOI. */
+export interface Received {
+  data: Uint8Array;
+  last: boolean;
+}
+
 /** A drive on lines. Moments are microseconds since it was opened, and never go back. */
 export interface Drive {
   readonly isOpen: boolean;
@@ -134,6 +140,21 @@ export interface Drive {
   due(by: number): Reaction | null;
   pulls(): { clock: boolean; data: boolean };
   reset(): void;
+  /**
+   * OPEN of a channel from 0 to 15 with a text such as "NAME,P,R"; on channel 15 it is a command. This and the next calls do what the same bytes would do on the
+   * wires, at once; the wires must be at rest, else they throw Refused with -2. status() then has the number of the drive's answer.
+   */
+  openChannel(channel: number, text: Text): void;
+  /** Bytes to a channel, the last one with EOI. */
+  writeChannel(channel: number, data: Bytes): void;
+  /** Bytes from a channel: up to the one with EOI, but at most so many; none if the channel has nothing to send. */
+  readChannel(channel: number, most?: number): Received;
+  /** CLOSE; that of channel 15 closes all. */
+  closeChannel(channel: number): void;
+  /** Sends a command to channel 15, and gives its line, such as "01, FILES SCRATCHED,02,00". */
+  command(text: Text): string;
+  /** The line of channel 15, which is then read: after it the status is 0. */
+  statusLine(): string;
   status(): number;
   writes(): bigint;
   image(): Uint8Array;

@@ -64,6 +64,8 @@ const FLAW_TEXTS = [
 // The sizes of structs in the header.
 const SIGNAL = 16, SECTOR = 256, ENTRY = 24, FLAW = 8, SAID = 36;
 const SLOTS = 144, FLAWS = 4096;
+// The channel of commands and of the status, and how many bytes are asked of a channel at a time.
+const COMMANDS = 15, PART = 65536;
 
 /** The words for a result or a status: "no memory" for -1, "63, FILE EXISTS" for 63. */
 export const text = (number) => TEXTS[number] ?? (STATUS_TEXT.has(number) ? `${number}, ${STATUS_TEXT.get(number)}` : `status ${number} of the drive`);
@@ -101,6 +103,21 @@ const byte = (value, what) => {
 const moment = (value) => {
   if (!Number.isSafeInteger(value) || value < 0) throw new RangeError(`no moment: ${value}`);
   return value;
+};
+
+const channel = (value) => {
+  if (!Number.isInteger(value) || value < 0 || value > COMMANDS) throw new RangeError(`no channel: ${value}`);
+  return value;
+};
+
+const joined = (parts) => {
+  const all = new Uint8Array(parts.reduce((size, it) => size + it.length, 0));
+  let place = 0;
+  for (const it of parts) {
+    all.set(it, place);
+    place += it.length;
+  }
+  return all;
 };
 
 // Bytes, of a buffer, a view of one, or a text whose characters are bytes.
@@ -362,6 +379,52 @@ class Drive {
     const calls = this.#calls;
     this.#in.with([image], (at, size) => check(calls.y1541_insert(this.#handle, at, size, Number(isProtected))));
     this.#room = roomFor(image);
+  }
+
+  // The DOS without the wires: what the same bytes would do on them, at once.
+  openChannel(number, text) {
+    const calls = this.#calls;
+    this.#in.with([typed(text)], (at, size) => check(calls.y1541_channel_open(this.#handle, channel(number), at, size)));
+  }
+
+  writeChannel(number, data) {
+    const calls = this.#calls;
+    this.#in.with([data], (at, size) => check(calls.y1541_channel_write(this.#handle, channel(number), at, size)));
+  }
+
+  readChannel(number, most = Infinity) {
+    const parts = [];
+    for (let left = most, last = false; ; ) {
+      const part = this.#part(channel(number), Math.min(left, PART));
+      parts.push(part.data);
+      left -= part.data.length;
+      last = part.last;
+      if (last || part.data.length < PART || left === 0) return { data: joined(parts), last };
+    }
+  }
+
+  // The bytes of one TALK.
+  #part(number, most) {
+    const calls = this.#calls, it = this.#in, out = it.room(most), last = Number(it.small) + 8;
+    try {
+      check(calls.y1541_channel_read(this.#handle, number, out, it.word.of(most), it.small, it.word.of(last)));
+      return { data: it.take(out, it.sizeAt(it.small)), last: it.take(last, 1)[0] !== 0 };
+    } finally {
+      if (!it.isGone) it.back(out);
+    }
+  }
+
+  closeChannel(number) {
+    check(this.#calls.y1541_channel_close(this.#handle, channel(number)));
+  }
+
+  command(text) {
+    this.writeChannel(COMMANDS, typed(text));
+    return this.statusLine();
+  }
+
+  statusLine() {
+    return String.fromCharCode(...this.readChannel(COMMANDS).data).replace(/\r$/, "");
   }
 
   // The whole state, its disk included; a state has fewer than 16,384 bytes beside the image.

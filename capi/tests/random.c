@@ -50,6 +50,28 @@ static int32_t opened(y1541 *d, const uint8_t *image, size_t n) {
     }
 }
 
+/* A call on a channel of a drive; a file is read or written over and over. */
+static int32_t on_channel(y1541 *d) {
+    uint8_t channel = (uint8_t)(by_chance(20) ? by_chance(3) : by_chance(256)), last = 0, *text, *out;
+    size_t n, got = 0, room = by_chance(600);
+    int32_t said;
+    switch (by_chance(4)) {
+    case 0:
+        text = some_text(&n), said = y1541_channel_open(d, by_chance(3) ? channel : 15, text, n);
+        free(text);
+        return said;
+    case 1:
+        text = block(image, room, 3), said = y1541_channel_write(d, channel, text, room);
+        free(text);
+        return said;
+    case 2:
+        out = malloc(room ? room : 1), said = y1541_channel_read(d, by_chance(3) ? channel : 15, out, room, &got, &last);
+        free(out);
+        return got > room || last > 1 ? 1 : said;
+    default: return by_chance(3) ? 0 : y1541_channel_close(d, channel);
+    }
+}
+
 /* A call on a drive. */
 static int32_t on_drive(y1541 *d, uint64_t *now) {
     y1541_reacted r;
@@ -90,6 +112,7 @@ static int32_t on_drive(y1541 *d, uint64_t *now) {
         return said;
     case 6: said = y1541_status(d); return said > 0 && said <= 77 ? 0 : said;
     case 7: return y1541_writes(d) < Y1541_NEVER ? y1541_pulls_now(d, &p) : 1;
+    case 15: case 16: return on_channel(d);
     case 8: case 9: case 10: case 11: case 12: case 13: case 14: return y1541_due(d, *now + by_chance(300), &r);
     default:
         *now += by_chance(120);

@@ -121,6 +121,23 @@ static void host_reads_blocks(void) {
     for (int i = 0; i < 2; i++)
         expect(kernal_open(&hosts[i].with, 8, 2, "#") && kernal_print(&hosts[i].with, 8, 15, (const uint8_t *)"U1:2,0,18,1", 11) && kernal_input(&hosts[i].with, 8, 2, out, ROOM) == 256, "U1");
 }
+/* The same without the wires, when they are at rest. */
+static void channels_say(uint8_t channel, const char *text) {
+    for (int i = 0; i < 2; i++) {
+        y1541 *drive = &hosts[i].at.drive[0];
+        expect(y1541_reset(drive) == Y1541_OK && y1541_channel_open(drive, channel, (const uint8_t *)text, strlen(text)) == Y1541_OK, text);
+    }
+}
+static void channels_read(void) {
+    uint8_t last;
+    channels_say(0, "$");
+    for (int i = 0; i < 2; i++) expect(y1541_channel_read(&hosts[i].at.drive[0], 0, out, ROOM, &needed, &last) == Y1541_OK && last, "read");
+}
+static void channels_write(void) {
+    channels_say(1, "MORE,P,W");
+    for (int i = 0; i < 2; i++) expect(y1541_channel_write(&hosts[i].at.drive[0], 1, image, 3000) == Y1541_OK && y1541_channel_close(&hosts[i].at.drive[0], 1) == Y1541_OK, "written");
+}
+static void channels_copy(void) { channels_say(15, "C0:MOST=HELLO"); }
 static void hosts_end(void) {
     for (int i = 0; i < 2; i++) y1541_close(&hosts[i].at.drive[0]);
 }
@@ -137,8 +154,9 @@ static const struct { const char *name; void (*call)(void); size_t most; } calls
     {"image_put_away", puts_away, 37200}, {"image_put_back", puts_back, 37300}, {"image_put, art", puts_around, 59800}, {"image_command, art", command_around, 51200},
     {"image_new", makes, 52000}, {"image_convert", converts, 36000}, {"play", plays, 15200},
     {"LOAD $", host_lists, 46000}, {"LOAD", host_loads, 46000}, {"SAVE", host_saves, 46000}, {"R", host_renames, 46000}, {"C", host_copies, 46000},
-    {"S", host_scratches, 14500}, {"V", host_validates, 14500}, {"N", host_formats, 37800}, {"their close", hosts_end, 1000},
-    {"U1, direct", host_reads_blocks, 13200}, {"SAVE, direct", host_saves, 46700}, {"V, direct", host_validates, 13200}, {"their close, direct", hosts_end, 1000},
+    {"S", host_scratches, 14500}, {"V", host_validates, 14500}, {"N", host_formats, 37800}, {"channels, $", channels_read, 46000},
+    {"channels, SAVE", channels_write, 46000}, {"channels, C", channels_copy, 46000}, {"their close", hosts_end, 1000},
+    {"U1, direct", host_reads_blocks, 13200}, {"SAVE, direct", host_saves, 46700}, {"V, direct", host_validates, 13200}, {"channels, direct", channels_write, 46700}, {"their close, direct", hosts_end, 1000},
 };
 
 /* Where the library that cargo makes needs more. */

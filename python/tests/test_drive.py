@@ -7,7 +7,7 @@ import subprocess
 import unittest
 
 from support import DISK1541, HELLO, ROOT, DiskCase, model_disk
-from yellowadze1541 import BusError, Drive, Form, Host, Image, Pace, Pulls, Refused
+from yellowadze1541 import BusError, Drive, Form, Host, Image, Pace, Pulls, Received, Refused
 from yellowadze1541.bus import Bus
 from yellowadze1541.kernal import Computer
 
@@ -349,3 +349,63 @@ class Lines(unittest.TestCase):
 
 if __name__ == "__main__":
     unittest.main()
+
+
+class ChannelTest(unittest.TestCase):
+    """The DOS without the wires."""
+
+    def test_a_file_is_written_and_read(self):
+        for direct in (False, True, "raw"):
+            with self.subTest(direct=direct), Drive(Image.open(HELLO), direct=direct) as drive:
+                self.assertEqual(drive.status_line(), "73,CBM DOS V2.6 1541,00,00")
+                drive.open_channel(2, "NOTES,S,W")
+                drive.write_channel(2, b"ten ")
+                drive.write_channel(2, bytearray(b"lines"))
+                drive.close_channel(2)
+                self.assertEqual(drive.image.read("NOTES"), b"ten lines")
+                drive.open_channel(2, b"NOTES,S")
+                self.assertEqual(drive.read_channel(2, 4), Received(b"ten ", False))
+                self.assertEqual(drive.read_channel(2), Received(b"lines", True))
+                drive.close_channel(2)
+                self.assertEqual(drive.status, 0)
+                self.assertEqual(drive.command("s0:notes"), "01, FILES SCRATCHED,01,00")
+                self.assertEqual(drive.status_line(), "00, OK,00,00")
+
+    def test_a_long_file_is_read_whole(self):
+        image = Image.new()
+        image.write("LONG", bytes(range(256)) * 600)
+        with Drive(image) as drive:
+            drive.open_channel(0, "LONG")
+            self.assertEqual(drive.read_channel(0), Received(bytes(range(256)) * 600, True))
+
+    def test_an_error_has_its_number_and_its_line(self):
+        with Drive(Image.open(HELLO)) as drive:
+            drive.open_channel(0, "NONE")
+            self.assertEqual(drive.status, 62)
+            self.assertEqual(drive.read_channel(0), Received(b"", False))
+            self.assertEqual(drive.status_line(), "62,FILE NOT FOUND,00,00")
+            self.assertEqual(drive.status, 0)
+
+    def test_what_is_refused(self):
+        with Drive(Image.open(HELLO)) as drive:
+            for channel in (-1, 16):
+                with self.assertRaises(ValueError):
+                    drive.open_channel(channel, "$")
+            with self.assertRaises(TypeError):
+                drive.write_channel(2, 5)
+            drive.lines(1000, True, False, False)
+            with self.assertRaises(Refused) as refused:
+                drive.read_channel(15)
+            self.assertEqual(refused.exception.number, -2)
+        with self.assertRaises(Refused) as refused:
+            drive.close_channel(2)
+        self.assertEqual(refused.exception.number, -7)
+
+    def test_the_wires_go_on(self):
+        with Drive(Image.open(HELLO)) as drive:
+            host = Host(drive)
+            hello = host.load("HELLO")
+            drive.open_channel(2, "HELLO")
+            self.assertEqual(drive.read_channel(2, 1), Received(hello[:1], False))
+            self.assertEqual(host.receive(2), hello[1:])
+            self.assertEqual(host.command("I0"), "00, OK,00,00")

@@ -48,7 +48,7 @@ def is_as(argument, declared):
     if not pointer:
         return argument is NUMBERS[kind]
     if kind == "uint8_t":
-        return argument in (ctypes.c_char_p, ctypes.c_void_p)
+        return argument in (ctypes.c_char_p, ctypes.c_void_p, ctypes.POINTER(ctypes.c_uint8))
     return argument is ctypes.c_void_p or argument is ctypes.POINTER({**NUMBERS, **STRUCTS}[kind])
 
 

@@ -116,8 +116,10 @@ PARTS = {
     ],
     "The C library": [
         ("a drive on lines, with the disk of an image", "cbm_device", "open lines next_due due image insert eject reset status"),
+        ("its channels by calls", "cbm_device", "open_channel write_channel read_channel close_channel"),
         ("images by calls, and a bus played", "cbm_device", "check blank list file entry title sector play"),
         ("a drive with direct access on lines", "cbm_direct_device", "open lines next_due due image insert eject reset status"),
+        ("its channels by calls, with direct access", "cbm_direct_device", "open_channel write_channel read_channel close_channel"),
         ("what C may pass, and the numbers of refusals", "yellowadze1541", "y1541_open y1541_open_direct y1541_open_raw y1541_lines y1541_due y1541_image y1541_play y1541_image_list"),
         ("all entries and flaws of an image, and files by their slot", "yellowadze1541", "y1541_image_entries y1541_image_flaws y1541_image_rename y1541_image_delete y1541_image_copy y1541_image_read"),
         ("disks with odd entries: what is left without them, and the whole again", "yellowadze1541", "y1541_image_put_away y1541_image_put_back y1541_image_put"),

@@ -63,6 +63,29 @@ static void saw_image(uint8_t *out, size_t room, size_t needed) {
 
 static int known(int32_t said) { return (said >= Y1541_NO_DRIVE && said <= 0) || (said >= 20 && said <= 77); }
 
+/* A call on a channel of a drive. */
+static int32_t on_channel(y1541 *d) {
+    uint8_t channel = (uint8_t)(by_chance(20) ? by_chance(3) : by_chance(256)), last = 7, *text, *out;
+    size_t n, got = 5, room = by_chance(600);
+    int32_t said;
+    switch (by_chance(4)) {
+    case 0:
+        text = some_text(&n), channel = by_chance(3) ? channel : 15, said = y1541_channel_open(d, channel, text, n);
+        free(text);
+        return said;
+    case 1:
+        text = block(image, room, 3), said = y1541_channel_write(d, channel, text, room);
+        free(text);
+        return said;
+    case 2:
+        out = room_of(room), channel = by_chance(3) ? channel : 15, said = y1541_channel_read(d, channel, out, room, &got, &last);
+        saw(got), saw(last), saw_bytes(out, room);
+        free(out);
+        return said;
+    default: return by_chance(3) ? 0 : y1541_channel_close(d, channel);
+    }
+}
+
 /* A call on a drive. */
 static int32_t on_drive(y1541 *d, uint64_t *now) {
     y1541_reacted r = {7, 7, 7, 7, 7};
@@ -100,6 +123,7 @@ static int32_t on_drive(y1541 *d, uint64_t *now) {
     case 5:
     case 6: said = y1541_status(d), saw((uint64_t)(int64_t)said); return said > 0 && said <= 77 ? 0 : said;
     case 7: saw(y1541_writes(d)), said = y1541_pulls_now(d, &p), saw(p.clock_low), saw(p.data_low); return said;
+    case 15: case 16: return on_channel(d);
     case 8: case 9: case 10: case 11: case 12: case 13: case 14: when = *now + by_chance(300), said = y1541_due(d, when, &r), saw(r.moment), saw(r.clock_low), saw(r.data_low), saw(r.clock_changed), saw(r.data_changed);
         return said;
     default:

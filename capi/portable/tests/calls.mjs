@@ -172,6 +172,33 @@ expect(played.events.length === 5 && played.events[2].moment === 1020 && played.
 const many = Array.from({ length: 3000 }, (_, i) => ({ moment: 1000 + 500 * i, line: ATN, low: i % 2 === 0 }));
 expect(y1541.play(image, many, 2000000, { pace: PROFILE }).events.length > 4096, "more events than room was asked for");
 
+// The DOS without the wires.
+const codes = (it) => [...it].map((letter) => letter.charCodeAt(0));
+for (const direct of [false, true, "raw"]) {
+  const it = y1541.open(image, { direct });
+  expect(it.statusLine() === "73,CBM DOS V2.6 1541,00,00", "the line at power-up");
+  it.openChannel(2, "notes,s,w");
+  it.writeChannel(2, "TEN ");
+  it.writeChannel(2, Uint8Array.from(codes("LINES")));
+  it.closeChannel(2);
+  it.openChannel(2, "notes,s");
+  expect(isEqual({ ...it.readChannel(2, 4) }, { data: Uint8Array.from(codes("TEN ")), last: false }), "a part of a file");
+  const rest = it.readChannel(2);
+  expect(same(rest.data, Uint8Array.from(codes("LINES"))) && rest.last, "the rest of it");
+  const none = it.readChannel(2);
+  expect(none.data.length === 0 && !none.last, "nothing more");
+  it.closeChannel(2);
+  it.statusLine();
+  expect(it.command("s0:notes") === "01, FILES SCRATCHED,01,00" && it.statusLine() === "00, OK,00,00", "a command");
+  it.openChannel(0, "none");
+  expect(it.status() === 62 && it.statusLine() === "62,FILE NOT FOUND,00,00" && it.status() === 0, "an error");
+  expect(thrown(() => it.openChannel(16, "$")) instanceof RangeError, "no channel");
+  it.lines(1000, 1, 0, 0);
+  refused(-2, () => it.readChannel(15), "the wires aren't at rest");
+  it.close();
+  refused(-7, () => it.closeChannel(2), "a closed drive");
+}
+
 // A trap.
 const gone = (await load(fs.readFileSync(traps))).open(image);
 expect(gone.isOpen && gone.status() === 73, "a drive before it traps");

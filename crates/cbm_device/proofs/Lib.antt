@@ -1,3 +1,5 @@
+pub mod Called
+pub mod Calling
 pub mod Giving
 pub mod Opening
 pub mod Played

@@ -1,4 +1,5 @@
 pub mod Answers
+pub mod Channels
 pub mod ImageDisks
 pub mod Looking
 pub mod Making

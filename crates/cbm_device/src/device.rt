@@ -14,6 +14,7 @@ ghost use Rattle.cbm_device.specs.Answers.{answer};
 ghost use Rattle.cbm_device.specs.ImageDisks.{no_disk, counted_seen, IsOpenRefusal};
 ghost use Rattle.cbm_device.specs.Devices.{tell_in_turn, react_at, IsUnfitParty, IsSwitchedOn, IsOnTime, IsOutOfTime, IsDueBefore, HasHeard, DeviceHasReacted, HasNothingDue, IsRestarted, IsExchanged, HasAnotherDisk, GivesImage, StandsFor, LeadsDesk, StandsPowered};
 
+mod calls;
 mod saving;
 
 use crate::image_disk::ImageDisk;

@@ -1,6 +1,7 @@
 //! What each call of the C library does: a drive on lines with the disk of an image, and looks into images.
 #![tactic(auto)]
 
+mod calls;
 mod changing;
 mod device;
 mod image_disk;
@@ -10,6 +11,7 @@ mod playing;
 mod refusal;
 mod room;
 
+pub use calls::{CalledAct, Came, call_close, call_open, call_read, call_write};
 pub use changing::change;
 pub use device::{Device, DeviceReaction};
 pub use image_disk::{ImageDisk, Sectors};

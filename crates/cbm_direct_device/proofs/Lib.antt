@@ -1,1 +1,2 @@
+pub mod DirectCalled
 pub mod Saved

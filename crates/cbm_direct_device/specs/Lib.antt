@@ -1,1 +1,2 @@
 pub mod DirectDevices
+pub mod DirectChannels

@@ -12,6 +12,8 @@ ghost use Rattle.cbm_device.specs.Devices.{IsUnfitParty, IsDueBefore};
 ghost use Rattle.cbm_device.specs.ImageDisks.{no_disk, counted_seen, IsOpenRefusal};
 ghost use Rattle.cbm_direct_device.specs.DirectDevices.{disk_in, vouch_in, status_in, IsSwitchedOnDirect, IsOnTimeDirect, IsOutOfTimeDirect, HasHeardDirect, HasReactedDirect, HasNothingDueDirect, IsRestartedDirect, IsExchangedDirect, HasAnotherDiskDirect, GivesImageDirect, ShowsSoundDisk};
 
+mod calls;
+
 use cbm_device::{DeviceReaction, DeviceRefusal, ImageDisk, given};
 use cbm_direct::Access;
 use cbm_direct_desk::DirectDesk;

@@ -1,5 +1,6 @@
 pub mod AnyDevices
 pub mod Changes
+pub mod Channels
 pub mod Commands
 pub mod DirectDrives
 pub mod Drives

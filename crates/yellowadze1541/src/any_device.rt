@@ -1,16 +1,19 @@
 //! A drive without direct access, or with it: each call on it, as a number for C.
-ghost use Rattle.std.specs.Prelude.{◌≡◌, MatchResult};
+ghost use Rattle.std.specs.Prelude.{◌≡◌, ◌++◌, ◌⊎◌, drop, length, MatchResult};
 ghost use Rattle.cbm_iec.specs.Ports.{port_due};
 ghost use Rattle.cbm_device.specs.Answers.{fine, answer_number};
+ghost use Rattle.cbm_device.specs.Channels.{opening_acts, writing_acts, closing_acts};
 ghost use Rattle.cbm_device.specs.Devices.{IsRestarted, GivesImage};
 ghost use Rattle.cbm_direct_device.specs.DirectDevices.{IsRestartedDirect, GivesImageDirect};
 ghost use Rattle.yellowadze1541.specs.AnyDevices.{port_of, disk_of, number_of_status, OfEither, ActsOn};
+ghost use Rattle.yellowadze1541.specs.Channels.{TellsActs, TellsActsDirect, Reads, ReadsDirect};
+ghost use Rattle.yellowadze1541.specs.Looks.{flag as flag_of};
 ghost use Rattle.yellowadze1541.specs.Drives.{Hears, IsTold, Reacts, Ejects, Inserts};
 ghost use Rattle.yellowadze1541.specs.DirectDrives.{HearsDirect, ReactsDirect, EjectsDirect, InsertsDirect};
 ghost use Rattle.yellowadze1541.specs.Snapshots.{GivesState, GivesNoState};
 
 use crate::shapes::{Reacted, flag};
-use cbm_device::{Device, DeviceReaction, DeviceRefusal, number};
+use cbm_device::{Came, Device, DeviceReaction, DeviceRefusal, number};
 use cbm_direct_device::DirectDevice;
 use cbm_drive::{Held, Lines};
 use std::alloc::Global;
@@ -47,6 +50,21 @@ fn report(done: Result<DeviceReaction, DeviceRefusal>, reacted: &mut Reacted) ->
     match done {
         Ok(reaction) => {
             *reacted = told(reaction);
+            0
+        }
+        Err(refusal) => refusal.number(),
+    }
+}
+
+/// What C is told where bytes came from a channel, or none could.
+fn report_came(done: Result<Came, DeviceRefusal>, got: &mut usize, last: &mut u8) -> i32
+    ensures { MatchResult done (λ came. (result ≡ fine) × (got.new ≡ came.count) × (last.new ≡ flag_of came.marked))
+        (λ why. (result ≡ answer_number why) × (got.new ≡ got.old) × (last.new ≡ last.old)) }
+{
+    match done {
+        Ok(came) => {
+            *got = came.count;
+            *last = flag(came.marked);
             0
         }
         Err(refusal) => refusal.number(),
@@ -165,6 +183,56 @@ impl AnyDevice {
         match self {
             AnyDevice::Plain(device) => number(device.save(alloc, out, needed)),
             AnyDevice::Direct(_) => DeviceRefusal::Invalid.number(),
+        }
+    }
+
+    /// OPEN of a channel with a text, or on 15 a command.
+    pub fn open_channel(&mut self, channel: u8, text: &[u8]) -> i32
+        ensures { ActsOn (TellsActs channel (λ device. opening_acts device channel text.now) result)
+            (TellsActsDirect channel (λ device. opening_acts device channel text.now) result) self.old self.new }
+    {
+        match self {
+            AnyDevice::Plain(device) => number(device.open_channel(channel, text)),
+            AnyDevice::Direct(device) => number(device.open_channel(channel, text)),
+        }
+    }
+
+    /// Bytes for a channel.
+    pub fn write_channel(&mut self, channel: u8, bytes: &[u8]) -> i32
+        ensures { ActsOn (TellsActs channel (λ device. writing_acts device channel bytes.now) result)
+            (TellsActsDirect channel (λ device. writing_acts device channel bytes.now) result) self.old self.new }
+    {
+        match self {
+            AnyDevice::Plain(device) => number(device.write_channel(channel, bytes)),
+            AnyDevice::Direct(device) => number(device.write_channel(channel, bytes)),
+        }
+    }
+
+    /// Bytes of a channel, as many as there is room for.
+    pub fn read_channel(
+        &mut self,
+        channel: u8,
+        out: &mut [u8],
+        got: &mut usize,
+        last: &mut u8,
+    ) -> i32
+        ensures { ActsOn (Reads channel result out.old out.new got.old got.new last.old last.new)
+            (ReadsDirect channel result out.old out.new got.old got.new last.old last.new) self.old self.new }
+    {
+        match self {
+            AnyDevice::Plain(device) => report_came(device.read_channel(channel, out), got, last),
+            AnyDevice::Direct(device) => report_came(device.read_channel(channel, out), got, last),
+        }
+    }
+
+    /// CLOSE of a channel.
+    pub fn close_channel(&mut self, channel: u8) -> i32
+        ensures { ActsOn (TellsActs channel (λ device. closing_acts device channel) result)
+            (TellsActsDirect channel (λ device. closing_acts device channel) result) self.old self.new }
+    {
+        match self {
+            AnyDevice::Plain(device) => number(device.close_channel(channel)),
+            AnyDevice::Direct(device) => number(device.close_channel(channel)),
         }
     }
 }

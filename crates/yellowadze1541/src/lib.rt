@@ -3,6 +3,7 @@
 
 mod any_device;
 mod changes;
+mod channels;
 mod commands;
 mod disks;
 mod drives;

@@ -8,7 +8,7 @@
 `Image` is a D64 or a G64, `Drive` a drive on the lines of a serial bus, `Host` a computer at it. The C library is proved; these Python files are not.
 """
 from ._library import version_text
-from .drive import Drive, Pace, Pulls, Reaction
+from .drive import Drive, Pace, Pulls, Reaction, Received
 from .entries import Entry, FileType
 from .host import BusError, Host
 from .image import Form, Image, Order
@@ -34,6 +34,7 @@ __all__ = [
     "Pace",
     "Pulls",
     "Reaction",
+    "Received",
     "Refused",
     "Unsound",
     "codes",

@@ -1,4 +1,5 @@
 """A drive on the lines of a serial bus. Moments are microseconds on a clock of the caller's, which may begin anywhere, and never go back for one drive."""
+import ctypes
 import enum
 from types import TracebackType
 from typing import Literal, NamedTuple, Optional, Type, Union
@@ -6,13 +7,17 @@ from typing import Literal, NamedTuple, Optional, Type, Union
 from . import _library
 from ._library import library
 from .image import Image
+from .petscii import Name, name_codes
 from .refusals import ABSENT, INVALID, Refused
 
-__all__ = ["Drive", "Pace", "Pulls", "Reaction"]
+__all__ = ["Drive", "Pace", "Pulls", "Reaction", "Received"]
 
 
 # The most bytes of a state in addition to the disk's image.
 _STATE = 16384
+# The channel of commands and of the status, and how many bytes are asked of a channel at a time.
+_COMMANDS = 15
+_PART = 65536
 
 
 class Pace(enum.IntEnum):
@@ -37,6 +42,13 @@ class Reaction(NamedTuple):
     data: bool
     clock_changed: bool
     data_changed: bool
+
+
+class Received(NamedTuple):
+    """Bytes of a channel, and whether the last of them came with EOI."""
+
+    data: bytes
+    last: bool
 
 
 class Drive:
@@ -98,6 +110,49 @@ class Drive:
     def reset(self) -> None:
         """Switches the drive off and on with its disk. It assumes that all lines are free until `lines` is called."""
         _library.check(library.y1541_reset(self._handle))
+
+    # --- its DOS without the wires
+
+    def open_channel(self, channel: int, text: Name) -> None:
+        """OPEN of a channel from 0 to 15 with a text such as `NAME,P,R`; on channel 15 it is a command. This and the next calls do what the same bytes would do on the
+        wires, at once. `status` then has the number of the DOS's answer. Refused: the wires aren't at rest, as something is pulled or due."""
+        codes = name_codes(text)
+        _library.check(library.y1541_channel_open(self._handle, _channel(channel), codes, len(codes)))
+
+    def write_channel(self, channel: int, data: bytes) -> None:
+        """Sends bytes to a channel, the last one with EOI."""
+        data = _library.data_of(data)
+        _library.check(library.y1541_channel_write(self._handle, _channel(channel), data, len(data)))
+
+    def read_channel(self, channel: int, size: Optional[int] = None) -> Received:
+        """Takes bytes from a channel: up to the one with EOI, but at most `size`. There are none if the channel has nothing to send."""
+        if size is not None:
+            return self._received(channel, size)
+        data = b""
+        while True:
+            part = self._received(channel, _PART)
+            data += part.data
+            if part.last or len(part.data) < _PART:
+                return Received(data, part.last)
+
+    def close_channel(self, channel: int) -> None:
+        """CLOSE of a channel; that of channel 15 closes all."""
+        _library.check(library.y1541_channel_close(self._handle, _channel(channel)))
+
+    def command(self, text: Name) -> str:
+        """Sends a command to channel 15, and answers its line, such as `01, FILES SCRATCHED,02,00`."""
+        self.write_channel(_COMMANDS, name_codes(text))
+        return self.status_line()
+
+    def status_line(self) -> str:
+        """The line of channel 15, such as `00, OK,00,00`, which is then read: after it the status is 0."""
+        return self.read_channel(_COMMANDS).data.rstrip(b"\r").decode("latin-1")
+
+    def _received(self, channel: int, size: int) -> Received:
+        """Bytes of one TALK."""
+        out, got, last = ctypes.create_string_buffer(size), ctypes.c_size_t(), ctypes.c_uint8()
+        _library.check(library.y1541_channel_read(self._handle, _channel(channel), out, size, got, last))
+        return Received(out.raw[: got.value], bool(last.value))
 
     # --- the disk
 
@@ -171,3 +226,10 @@ def _moment(value: int) -> int:
     if not 0 <= value < _library.END_OF_TIME:
         raise Refused(INVALID, f"no moment: {value}")
     return value
+
+
+def _channel(number: int) -> int:
+    """A channel's number. ValueError: it is none."""
+    if not 0 <= number <= _COMMANDS:
+        raise ValueError(f"a channel is 0 to {_COMMANDS}, and not {number}")
+    return number
