@@ -329,7 +329,7 @@ static unsigned char play_step(unsigned char op) {
     switch (op) {
     case PREPARE: prepare(); break;
     case CHANGED: disk = NO_DISK; break;
-    case NEW: new_disk(); break;
+    case NEW: close_buffer(); new_disk(); break;
     case FORMAT: close_buffer(); format(); break;
     case CALM: close_buffer(); calm(); break;
     case RESTART: close_buffer(); restart(); break;

@@ -85,6 +85,7 @@ class Player:
     # --- operations that are no requests
 
     def new(self, _):
+        self.close_buffer()
         self.command(b"N0:TEST")
         self.status()
 
