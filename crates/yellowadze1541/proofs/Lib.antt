@@ -8,3 +8,4 @@ pub mod Types
 pub mod Values
 pub mod AroundLemmas
 pub mod Saving
+pub mod Reading
