@@ -1,10 +1,11 @@
 #!/usr/bin/env python3
 """transcripts.py [FILE..]: plays the transcripts (docs/dev/transcripts.md) on drives of the library that YELLOWADZE1541 names, by its calls on channels, without wires.
-Each answer, each sector and each list of files must be as the transcript has it. A step without direct access is played by a drive without it and by a guarded one; at
-`g64 too` also on a G64 of its disk. Left out are changes of the bus's lines, refused writes, refused scripts and refused images.
+Each answer, each sector and each list of files must be as the transcript has it. A step without direct access is played by a drive without it and by a guarded one, unless
+that refuses it: V of a disk of GEOS. At `g64 too` it is also played on a G64 of its disk. Left out are changes of the bus's lines, refused writes, refused scripts and refused images.
 Last line: 'N cases, .. 0 wrong'. Exit 0: nothing was wrong."""
 import glob
 import os
+import re
 import sys
 
 ROOT = os.path.dirname(os.path.dirname(os.path.dirname(os.path.realpath(__file__))))
@@ -17,6 +18,16 @@ FORTY = 196_608
 LONGEST = 200_000
 # Why a step that a computer can't play is played here all the same.
 PLAYED = (*images.REASONS, "the drive has another number", "a write that only guarded direct access refuses", "commands on blocks that are turned off")
+
+
+# Where a D64 has the mark of GEOS.
+MARK = slice(91_392 + 173, 91_392 + 184)
+VALIDATE = re.compile(r"(put|open) 15 V")
+
+
+def is_refused_if_guarded(step, image):
+    """Whether a guarded drive refuses what another one carries out: V of a disk of GEOS."""
+    return image[MARK] == b"GEOS format" and any(VALIDATE.match(it.line) for it in step.requests)
 
 
 def formatted(size):
@@ -142,7 +153,7 @@ class Player:
             yield ("raw" if "direct raw" in step.words else True), image
             return
         yield False, image
-        if not any(playable.OF_BLOCKS.match(it.line) for it in step.requests):
+        if not any(playable.OF_BLOCKS.match(it.line) for it in step.requests) and not is_refused_if_guarded(step, image):
             yield True, image
         if "g64 too" in step.words:
             yield False, Image(image).convert(lossy=True).bytes
