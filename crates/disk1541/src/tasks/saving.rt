@@ -37,6 +37,14 @@ fn shown_of(
     on_disk(alloc, desk.image, shown)
 }
 
+/// Prints the plan that a command made, if it made one.
+fn print_own<R: Runtime + AllocGlobal>(rt: &R, image: &str, made: &Made) -> Result<(), Failure> {
+    match &made.plan {
+        Some(plan) => print_plan(rt, image, plan.as_str(), false),
+        None => Ok(()),
+    }
+}
+
 /// Saves what a command made, and says what is to be said.
 fn save_made<R: Runtime + AllocGlobal>(
     rt: &R,
@@ -53,9 +61,9 @@ fn save_made<R: Runtime + AllocGlobal>(
     if let Some(rest) = &made.rest {
         let _ = eprint!(rt; "{rest}");
     }
-    match (&shown, &made.plan) {
-        (Some(told), _) | (None, Some(told)) => print_plan(rt, desk.image, told.as_str(), false),
-        (None, None) => Ok(()),
+    match shown {
+        Some(told) => print_plan(rt, desk.image, told.as_str(), false),
+        None => print_own(rt, desk.image, made),
     }
 }
 
