@@ -130,7 +130,7 @@ int32_t y1541_status(y1541 *d);
 
 /* --- the drive's DOS without its wires: for traps in place of LOAD and SAVE, and for computers with another bus */
 
-/* The next four calls do at once what the same bytes on the wires would do, with the same answers. The wires must be at rest: all others have freed all lines, the
+/* The next four calls have the effect of the same bytes on the wires, at once and with the same answers. The wires must be at rest: all others have freed all lines, the
  * drive isn't addressed, and nothing is due. They are at rest afterwards, no time passes, and a session on them goes on. Channels are the secondary addresses 0 to 15.
  * INVALID: the channel is above 15, or the wires aren't at rest; nothing has changed then. NO_DRIVE.
  * An error of the DOS isn't a result: y1541_status has its number. Reading channel 15 gives its line, after which the status is 0. */

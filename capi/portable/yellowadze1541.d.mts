@@ -141,8 +141,8 @@ export interface Drive {
   pulls(): { clock: boolean; data: boolean };
   reset(): void;
   /**
-   * OPEN of a channel from 0 to 15 with a text such as "NAME,P,R"; on channel 15 it is a command. This and the next calls do what the same bytes would do on the
-   * wires, at once; the wires must be at rest, else they throw Refused with -2. status() then has the number of the drive's answer.
+   * OPEN of a channel from 0 to 15 with a text such as "NAME,P,R"; on channel 15 it is a command. This and the next calls have the effect of the same bytes on the
+   * wires, at once. The wires must be at rest, otherwise they throw Refused with -2. status() then has the number of the drive's answer.
    */
   openChannel(channel: number, text: Text): void;
   /** Bytes to a channel, the last one with EOI. */

@@ -381,7 +381,7 @@ class Drive {
     this.#room = roomFor(image);
   }
 
-  // The DOS without the wires: what the same bytes would do on them, at once.
+  // The DOS without the wires: the effect of the same bytes, at once.
   openChannel(number, text) {
     const calls = this.#calls;
     this.#in.with([typed(text)], (at, size) => check(calls.y1541_channel_open(this.#handle, channel(number), at, size)));

@@ -114,7 +114,7 @@ class Drive:
     # --- its DOS without the wires
 
     def open_channel(self, channel: int, text: Name) -> None:
-        """OPEN of a channel from 0 to 15 with a text such as `NAME,P,R`; on channel 15 it is a command. This and the next calls do what the same bytes would do on the
+        """OPEN of a channel from 0 to 15 with a text such as `NAME,P,R`; on channel 15 it is a command. This and the next calls have the effect of the same bytes on the
         wires, at once. `status` then has the number of the DOS's answer. Refused: the wires aren't at rest, as something is pulled or due."""
         codes = name_codes(text)
         _library.check(library.y1541_channel_open(self._handle, _channel(channel), codes, len(codes)))
